@@ -1,4 +1,4 @@
-//! Bitmaps made of the marks of an iterator.
+//! Bitmaps made of the marks of an iterator, whose length is not trusted.
 ghost use Rattle.std.specs.Prelude.{IfErr, IfOk, OnOk};
 ghost use Rattle.std.specs.Iterator.{Drains, IsFinite};
 ghost use Rattle.arrow_types.specs.Failures.{OnlyOutOfMemory};

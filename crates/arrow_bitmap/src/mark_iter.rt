@@ -1,4 +1,4 @@
-//! Double-ended iterators over marks.
+//! Double-ended iterators over marks: a bound that says which marks are left, as std's `Iterator` does not.
 ghost use Rattle.std.specs.Prelude.{◌≡◌, ◌<◌, Bool, List, [], ◌∷◌, ◌++◌, length};
 
 /// A double-ended iterator over marks. A caller that knows that a mark is left gets it without an

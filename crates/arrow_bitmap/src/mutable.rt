@@ -1,4 +1,4 @@
-//! Bitmaps that can be changed and grow.
+//! Bitmaps that can be changed and grow. A growth that fails leaves the marks as they were.
 ghost use Rattle.std.specs.Prelude.{◌≡◌, ◌<◌, ◌+◌, ◌==◌, [], ◌∷◌, ◌++◌, count_by, length, not};
 ghost use Rattle.std.specs.Prelude.{replicate, slice_get, slice_set, take, Some, OnOk, IfOk, IfErr};
 ghost use Rattle.std.specs.Prelude.{MatchOption, drop, ◌*◌, ◌≤◌, vec_len, IsOk};

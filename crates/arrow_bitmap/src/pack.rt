@@ -1,4 +1,4 @@
-//! Booleans packed to marks, one byte at a time.
+//! Booleans packed to marks, one byte at a time, for `MutableBitmap::from_slice`.
 ghost use Rattle.std.specs.Prelude.{◌≡◌, ℕ, ◌*◌, ◌≤◌, ◌<◌, [], ◌∷◌, false, length, vec_len, slice_index_or, IfOk};
 ghost use Rattle.arrow_bitmap.specs.Marks.{mark_at, marks};
 

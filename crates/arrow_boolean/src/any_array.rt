@@ -1,4 +1,4 @@
-//! Arrays of booleans as arrays of any kind.
+//! Arrays of booleans as arrays of any kind, by the trait `Array`.
 use crate::BooleanArray;
 use arrow_column::Array;
 use arrow_memory::bitmap::Bitmap;

@@ -1,4 +1,4 @@
-//! Arrays of booleans.
+//! Arrays of booleans. Each call is one of its column, stated again for readers of this type.
 ghost use Rattle.std.specs.Prelude.{◌≡◌, ◌==◌, ◌<◌, length, not, count_by, slice_get, Some, IfOk, IfErr};
 ghost use Rattle.std.specs.Option.{option_copied};
 ghost use Rattle.arrow_types.specs.Failures.{OnlyOutOfMemory};

@@ -1,4 +1,4 @@
-//! Equality of arrays, which compares data types and slots.
+//! Equality of arrays, which compares data types and slots, and not what null slots store.
 ghost use Rattle.std.specs.Prelude.{◌≡◌, ◌↔◌, IsTrue};
 ghost use Rattle.std.specs.Bool.{beq};
 ghost use Rattle.arrow_column.specs.Column.{slots_of};

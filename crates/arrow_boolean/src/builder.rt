@@ -1,4 +1,4 @@
-//! Builders of arrays of booleans.
+//! Builders of arrays of booleans. `freeze` keeps any mask, as arrow2's does.
 ghost use Rattle.std.specs.Prelude.{◌≡◌, ◌==◌, ◌<◌, length, not, count_by, slice_get, false, Some, None};
 ghost use Rattle.std.specs.Prelude.{OnOk, IfOk, IfErr, IsOk};
 ghost use Rattle.std.specs.Option.{option_copied};

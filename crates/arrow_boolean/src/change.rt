@@ -1,4 +1,4 @@
-//! Replacement of values and masks, and thawing of arrays.
+//! Replacement of values and masks, and thawing of arrays, which copies nothing or leaves the array as it is.
 ghost use Rattle.std.specs.Prelude.{◌≡◌, List, Bool, length, IfSome, OnOk, IfOk};
 ghost use Rattle.either.specs.Either.{MatchEither};
 ghost use Rattle.arrow_types.specs.Failures.{OnlyOutOfMemory, OutOfMemoryKeeps};

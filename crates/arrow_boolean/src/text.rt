@@ -1,4 +1,4 @@
-//! The text of arrays and of builders.
+//! The text of arrays and of builders, the same by `{}`, by `{:?}` and under every option.
 ghost use Rattle.std.specs.Prelude.{codes};
 ghost use Rattle.arrow_memory.specs.MarkText.{marks_text};
 ghost use Rattle.arrow_column.specs.SlotText.{boolean_text, builder_text, named_text};

@@ -1,4 +1,4 @@
-//! How many slots of an array of booleans are true.
+//! How many slots of an array of booleans are true, 64 at a time: as many rows as it keeps as a filter.
 ghost use Rattle.std.specs.Prelude.{◌≡◌, ◌+◌, ◌<◌, ◌≤◌, Some, count_by, drop, false, length, slice_get, unwrap_or};
 ghost use Rattle.arrow_column.specs.Column.{slots_of};
 ghost use Rattle.arrow_column.specs.Combined.{set_in_both};

@@ -1,4 +1,4 @@
-//! Arrays of bytes and of text as arrays of any kind.
+//! Arrays of bytes and of text as arrays of any kind, by the trait `Array`.
 use crate::ByteArray;
 use arrow_bytes::{ByteKind, BytesAround};
 use arrow_check::accessor::Bytes;

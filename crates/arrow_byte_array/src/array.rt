@@ -1,4 +1,4 @@
-//! Arrays of bytes and of text.
+//! Arrays of bytes and of text. Each call is one of its column, stated again for readers of this type.
 ghost use Rattle.std.specs.Prelude.{◌≡◌, ◌==◌, ◌<◌, length, not, count_by, slice_get, Some, None, IfOk};
 ghost use Rattle.std.specs.Prelude.{IfErr};
 ghost use Rattle.std.specs.Option.{option_copied};

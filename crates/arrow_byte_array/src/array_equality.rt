@@ -1,4 +1,4 @@
-//! Equality of arrays, which compares data types and slots.
+//! Equality of arrays, which compares data types and slots, and not what null slots store.
 ghost use Rattle.std.specs.Prelude.{◌≡◌, ◌↔◌, IsTrue};
 ghost use Rattle.arrow_column.specs.Column.{slots_of};
 ghost use Rattle.arrow_column.specs.ArrayEquality.{same_typed_slots};

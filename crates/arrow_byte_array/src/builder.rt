@@ -1,4 +1,4 @@
-//! Builders with nulls of arrays of bytes and of text.
+//! Builders with nulls of arrays of bytes and of text. An overflow is found before a byte is appended.
 ghost use Rattle.std.specs.Prelude.{◌≡◌, ◌==◌, ◌<◌, ◌≤◌, [], is_some, IsTrue, length, not, count_by, slice_get};
 ghost use Rattle.std.specs.Prelude.{Some, None, OnOk, IfOk, IfErr, option_map, IsOk};
 ghost use Rattle.std.specs.Option.{option_copied};

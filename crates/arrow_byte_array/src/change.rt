@@ -1,4 +1,4 @@
-//! Replacement of masks, and thawing of arrays.
+//! Replacement of masks, and thawing of arrays, which copies nothing or leaves the array as it is.
 ghost use Rattle.std.specs.Prelude.{◌≡◌, List, Bool, length, IfSome};
 ghost use Rattle.either.specs.Either.{MatchEither};
 ghost use Rattle.arrow_column.specs.Column.{mask_of, with_mask};

@@ -1,4 +1,4 @@
-//! Equality of builders, which compares slots alone.
+//! Equality of builders, which compares slots alone, and not data types.
 ghost use Rattle.std.specs.Prelude.{◌≡◌, ◌↔◌, IsTrue};
 ghost use Rattle.arrow_column.specs.Column.{slots_of};
 ghost use Rattle.arrow_column.specs.SlotEquality.{same_slots};

@@ -1,4 +1,4 @@
-//! Arrays and builders made of items or of slots.
+//! Arrays and builders made of items or of slots. They allocate a builder first, and then report overflows.
 ghost use Rattle.std.specs.Prelude.{◌≡◌, [], IfOk, IfErr};
 ghost use Rattle.std.specs.Iterator.{IsFinite};
 ghost use Rattle.arrow_types.specs.Failures.{OnlyOutOfMemory};

@@ -1,4 +1,4 @@
-//! Builders without nulls of arrays of bytes and of text.
+//! Builders without nulls of arrays of bytes and of text. A null that is pushed is an empty item.
 ghost use Rattle.std.specs.Prelude.{◌≡◌, ◌==◌, ◌≤◌, [], false, is_some, IsTrue, length, None, Some, OnOk, IfOk};
 ghost use Rattle.std.specs.Prelude.{IfErr, option_map, IsOk};
 ghost use Rattle.arrow_types.specs.Failures.{OnlyOutOfMemory, OutOfMemoryKeeps};

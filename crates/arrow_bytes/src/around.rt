@@ -1,4 +1,4 @@
-//! What contracts see around items.
+//! What contracts see around items: the bytes before the first of them, and those after the last.
 use std::marker::Model;
 
 /// What contracts see around items of bytes: the bytes before the first of them and those after the

@@ -1,4 +1,4 @@
-//! The kind of bytes, of which any bytes are an item.
+//! The kind of bytes, of which any bytes are an item. Another kind is a file like this one.
 ghost use Rattle.std.specs.Prelude.{◌≡◌};
 
 use crate::{BorrowItem, ByteItem, ByteKind, ItemError};

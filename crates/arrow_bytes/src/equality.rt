@@ -1,4 +1,4 @@
-//! Comparison of stored byte strings at a place.
+//! Comparison of stored byte strings at a place, by which arrays and builders of bytes and text are compared.
 use crate::{ByteKind, ByteValues, MutableByteValues};
 use arrow_column::{EqualValues, Mask};
 use arrow_types::offset::Offset;

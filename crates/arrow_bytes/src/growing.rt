@@ -1,4 +1,4 @@
-//! Growing lists of byte strings.
+//! Growing lists of byte strings, as builders hold them: offsets, and bytes that end with the last.
 ghost use Rattle.std.specs.Prelude.{◌≡◌, ◌<◌, ◌≤◌, ◌+◌, false, [], ◌∷◌, length, slice_get, Some, IfOk};
 ghost use Rattle.std.specs.Prelude.{OnErr, OnOk};
 ghost use Rattle.arrow_types.specs.Failures.{OnlyOutOfMemory};

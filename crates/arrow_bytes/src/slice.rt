@@ -1,4 +1,4 @@
-//! Borrowed lists of byte strings.
+//! Borrowed lists of byte strings, by which kernels read items without an array.
 ghost use Rattle.std.specs.Prelude.{◌≡◌, ◌<◌, ◌≤◌, length, slice_get, Some};
 ghost use Rattle.std.specs.List.{concat};
 ghost use Rattle.arrow_bytes.specs.Kinds.{IsItem};

@@ -1,4 +1,4 @@
-//! The text of items: bytes as numbers, text in quotes.
+//! The text of items, which arrays and builders print: bytes as numbers, text in quotes.
 ghost use Rattle.std.specs.Prelude.{◌≡◌, ℕ, Bool, List, Option};
 ghost use Rattle.std.specs.Fmt.{DisplaysOnOk};
 ghost use Rattle.arrow_bytes.specs.Kinds.{IsItem};

@@ -1,4 +1,4 @@
-//! Thawing of stored byte strings together with their mask.
+//! Thawing of stored byte strings together with their mask: all of their vectors, or none.
 ghost use Rattle.either.specs.Either.{MatchEither};
 ghost use Rattle.arrow_bytes.specs.Pieces.{lead_only};
 ghost use Rattle.arrow_memory.specs.Thaw.{AreParts};

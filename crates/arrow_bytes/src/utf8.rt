@@ -1,4 +1,5 @@
-//! The kind of text, whose items are UTF-8 by themselves.
+//! The kind of text, whose items are UTF-8 by themselves. Here is the one `unsafe` block, in which bytes become a
+//! `&str` by that.
 ghost use Rattle.std.specs.Prelude.{◌≡◌};
 ghost use Rattle.arrow_check.specs.Utf8.{IsWellFormed};
 

@@ -1,4 +1,4 @@
-//! Immutable lists of byte strings.
+//! Immutable lists of byte strings, as arrays hold them: offsets, and bytes that may lie around the items, too.
 ghost use Rattle.std.specs.Prelude.{◌≡◌, ◌<◌, [], length, replicate, slice_get, Some, IfOk};
 ghost use Rattle.arrow_types.specs.Failures.{OnlyOutOfMemory};
 ghost use Rattle.arrow_memory.specs.Offsets.{IsOffsets};

@@ -1,4 +1,4 @@
-//! Arrays that lend their items.
+//! Arrays that lend their items: the bound of [`crate::values_iter`], which a user's array can meet.
 ghost use Rattle.std.specs.Prelude.{◌≡◌, ◌<◌, List, length, slice_get, Some};
 
 use std::marker::Model;

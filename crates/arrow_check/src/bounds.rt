@@ -1,4 +1,5 @@
-//! Checks that offsets fit the values that they point into.
+//! Checks that offsets fit the values that they point into: of arrays the last is at most their number, of builders it
+//! is.
 ghost use Rattle.std.specs.Prelude.{◌≡◌, ◌≢◌, ◌<◌, ◌≤◌, length, slice_index, OnOk, IfErr};
 ghost use Rattle.arrow_types.specs.Types.{refusal};
 ghost use Rattle.arrow_memory.specs.Offsets.{last_of, numbers_of};

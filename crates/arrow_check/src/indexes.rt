@@ -1,4 +1,4 @@
-//! Checks that keys are indexes of items.
+//! Checks that keys are indexes of items. All keys are read before the first fault is looked for.
 ghost use Rattle.std.specs.Prelude.{◌≡◌, IfNone, OnOk};
 ghost use Rattle.std.specs.Prelude.{length, true, None, Some};
 ghost use Rattle.std.specs.Option.{option_copied};

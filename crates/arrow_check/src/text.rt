@@ -1,4 +1,5 @@
-//! Checks that the items between offsets are text.
+//! Checks that the items between offsets are text, by one test of all their bytes and a look at each offset between the
+//! first and the last.
 ghost use Rattle.std.specs.Prelude.{◌≡◌, ◌+◌, ◌-◌, ◌≤◌, ◌↔◌, IfErr, IsTrue, OnOk, length};
 ghost use Rattle.arrow_memory.specs.Offsets.{last_of, numbers_of};
 ghost use Rattle.arrow_check.specs.Bounds.{AreLegal};

@@ -1,4 +1,5 @@
-//! Iterators over the items of an array.
+//! Iterators over the items of an array, from both ends. `IsWithin` is a condition of each call, which `new` ensures
+//! and each call keeps.
 ghost use Rattle.std.specs.Prelude.{◌≡◌, ◌-◌, ◌≤◌, length, take, drop, Some, IfSome};
 ghost use Rattle.std.specs.Iterator.{MakesProgress, YieldsFirstBy, YieldsLastBy, at_most, UpTo};
 ghost use Rattle.std.specs.Iterator.SizeHint.{IsWithinCount};

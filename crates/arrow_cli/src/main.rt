@@ -1,4 +1,5 @@
-//! A table of arrays and builders, from lines to lines.
+//! A table of arrays and builders, from lines to lines. Only tested: that `main` hands its streams to `session` and
+//! prints the outcome.
 #![tactic(auto)]
 
 use arrow_session::counted::Counted;

@@ -1,4 +1,4 @@
-//! What arrays of every kind have in common.
+//! What arrays of every kind have in common: the trait by which code is written over any of them.
 ghost use Rattle.std.specs.Prelude.{◌≡◌, ◌<◌, ◌==◌, Some, count_by, length, not, slice_get};
 ghost use Rattle.std.specs.Option.{option_copied};
 ghost use Rattle.arrow_types.specs.Types.{logical_type};

@@ -1,4 +1,4 @@
-//! Changes of columns in place.
+//! Changes of columns in place: of one slot, or of all stored values.
 ghost use Rattle.std.specs.Prelude.{◌≡◌, ◌<◌, length, OnOk, IfErr, option_map};
 ghost use Rattle.arrow_types.specs.Failures.{OutOfMemoryKeeps};
 ghost use Rattle.arrow_column.specs.Column.{with_slot, with_stored};

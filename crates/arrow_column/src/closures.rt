@@ -1,4 +1,4 @@
-//! Changes of columns by closures.
+//! Changes of columns by closures, of which contracts say what they are given and what they return.
 ghost use Rattle.std.specs.Prelude.{◌≡◌, List, Bool, length, IfSome, IsTrue, OnOk};
 ghost use Rattle.std.specs.Bool.{OnFalse};
 ghost use Rattle.std.specs.Borrow.{MutBor};

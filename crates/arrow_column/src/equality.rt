@@ -1,4 +1,4 @@
-//! Equality of columns, which compares slots alone.
+//! Equality of columns, which compares slots alone: what a null slot stores makes no difference.
 ghost use Rattle.std.specs.Prelude.{◌≡◌, ◌<◌, ◌↔◌, Bool, IsTrue, length, slice_get};
 ghost use Rattle.std.specs.Bool.{Decides};
 ghost use Rattle.arrow_memory.specs.Rows.{AgreeWhere, FitsMask};

@@ -1,4 +1,4 @@
-//! Extension of columns by the items of an iterator.
+//! Extension of columns by the items of an iterator. If a growth fails, the slots before it stay.
 ghost use Rattle.std.specs.Prelude.{◌≡◌, Option, Some, map, OnOk, IfErr};
 ghost use Rattle.std.specs.Iterator.{IsFinite};
 ghost use Rattle.arrow_column.specs.Appends.{AppendsSlots, ExtendsByItems, ExtendsBySlots};

@@ -1,4 +1,4 @@
-//! Immutable columns, of which arrays are made.
+//! Immutable columns, of which arrays are made. Each call is a definition on columns, which the arrays state again.
 ghost use Rattle.std.specs.Prelude.{IsTrue, None, ◌≡◌, ◌==◌, ◌<◌, length, not, count_by, slice_get, Some};
 ghost use Rattle.std.specs.Prelude.{IfSome, map, take, drop};
 ghost use Rattle.std.specs.Option.{option_copied};

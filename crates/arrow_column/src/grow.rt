@@ -1,4 +1,4 @@
-//! Growth of columns by many slots at once.
+//! Growth of columns by many slots at once: all of them are appended, or none.
 ghost use Rattle.arrow_column.specs.Column.{append_nulls, append_values, cut_with, FitsCut, column_overflows};
 ghost use Rattle.arrow_column.specs.Growth.{Grows, GrowthKeeps, JoinGrows, JoinKeeps};
 

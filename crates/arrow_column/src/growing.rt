@@ -1,4 +1,4 @@
-//! Growing columns, of which builders are made.
+//! Growing columns, of which builders are made. Values grow first, and are cut back if the growth of the mask fails.
 ghost use Rattle.std.specs.Prelude.{IsTrue, slice_get, not, is_some, count_by, ◌≡◌, ◌==◌, ◌<◌, ◌-◌, length, Some};
 ghost use Rattle.std.specs.Prelude.{None, OnOk, IfOk, IfSome};
 ghost use Rattle.std.specs.Option.{option_copied};

@@ -1,4 +1,5 @@
-//! Columns whose stored values can be borrowed for writing.
+//! Columns whose stored values can be borrowed for writing. It is a trait, since only a trait's clause can say what is
+//! written through a slice that is lent.
 ghost use Rattle.std.specs.Prelude.{◌≡◌, List};
 ghost use Rattle.std.specs.Borrow.{Array, Lends, sem};
 

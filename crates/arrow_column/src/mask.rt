@@ -1,4 +1,5 @@
-//! Optional masks: the marks of slots, where there are any.
+//! Optional masks: the marks of slots, where there are any. Both kinds of bitmaps are masks by one trait, and share
+//! what is here.
 ghost use Rattle.std.specs.Prelude.{IsTrue, ◌↔◌, slice_get, slice_set, ◌≡◌, ◌<◌, Bool, List, Option, true, false, not};
 ghost use Rattle.std.specs.Prelude.{[], ◌∷◌, ◌++◌, replicate, None, Some, option_map, unwrap_or, is_some, length};
 ghost use Rattle.std.specs.Prelude.{count_by, take, drop, ◌+◌, ◌≤◌, IfSome, MatchOption, OnOk, IfOk, IsOk};

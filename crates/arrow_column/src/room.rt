@@ -1,4 +1,4 @@
-//! Room of columns, and clones.
+//! Room of columns, of which contracts say only that slots stay; and clones.
 ghost use Rattle.std.specs.Prelude.{◌≡◌, IfOk, IfErr, IsOk};
 ghost use Rattle.arrow_types.specs.Failures.{OnlyOutOfMemory};
 

@@ -1,4 +1,4 @@
-//! Columns that hold no mask, and grow without looking for one.
+//! Columns that hold no mask, and grow without looking for one, as the results of kernels do.
 ghost use Rattle.std.specs.Prelude.{◌≡◌, false, Some, OnOk, IfErr};
 ghost use Rattle.std.specs.Iterator.{IsFinite};
 ghost use Rattle.arrow_types.specs.Failures.{OutOfMemoryKeeps};

@@ -1,4 +1,4 @@
-//! Stored values, of which columns are made.
+//! Stored values, of which columns are made: the traits that another kind of stored values implements.
 ghost use Rattle.std.specs.Prelude.{refl, slice_set, replicate, ◌<◌, IfOk, ◌≡◌, ℕ, ◌+◌, ◌-◌, ◌≤◌, List, Bool};
 ghost use Rattle.std.specs.Prelude.{false, [], ◌∷◌, ◌++◌, length, take, drop, OnOk, IsOk};
 ghost use Rattle.arrow_types.specs.Failures.{OnlyOutOfMemory, OutOfMemoryKeeps};

@@ -1,4 +1,5 @@
-//! Commands that replace or change a mask.
+//! Commands that replace or change a mask. The code of each is proved against its case in `Step.antt`, which says for
+//! which kinds it is.
 ghost use Rattle.std.specs.Prelude.{◌≡◌, IfOk, IfSome, IsTrue, OnOk, Some, length, replicate, reverse, true};
 ghost use Rattle.arrow_types.specs.Failures.{OnlyOutOfMemory, OutOfMemoryKeeps};
 ghost use Rattle.arrow_column.specs.Column.{mask_of};

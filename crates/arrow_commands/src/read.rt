@@ -1,4 +1,5 @@
-//! Commands that read an entry.
+//! Commands that read an entry. The code of each is proved against its case in `Step.antt`, which says for which kinds
+//! it is.
 ghost use Rattle.std.specs.Prelude.{◌≡◌, IfOk, map};
 ghost use Rattle.arrow_memory.specs.Offsets.{KeepsOffsets, numbers_of};
 ghost use Rattle.arrow_column.specs.Column.{slots_of};

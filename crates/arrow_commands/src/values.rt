@@ -1,4 +1,5 @@
-//! Commands that replace or change stored values, or a slot.
+//! Commands that replace or change stored values, or a slot. The code of each is proved against its case in
+//! `Step.antt`, which says for which kinds it is.
 ghost use Rattle.std.specs.Prelude.{◌<◌, ◌≡◌, IfOk, IfSome, IsTrue, OnOk, Some, is_some, length, map, option_map};
 ghost use Rattle.std.specs.Prelude.{replicate, reverse, slice_set};
 ghost use Rattle.std.specs.Bool.{OnFalse};

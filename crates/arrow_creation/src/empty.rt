@@ -1,4 +1,4 @@
-//! Arrays and builders with no slot.
+//! Arrays and builders with no slot, with which values of slots begin.
 ghost use Rattle.std.specs.Prelude.{[], ◌≡◌, Some};
 ghost use Rattle.arrow_types.specs.Failures.{OnlyOutOfMemory};
 ghost use Rattle.arrow_types.specs.Types.{default_logical_type};

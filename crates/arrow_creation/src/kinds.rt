@@ -1,4 +1,4 @@
-//! What is known of a kind.
+//! What is known of a kind: whether it is an array's, and in which builder its values are made.
 ghost use Rattle.std.specs.Prelude.{◌≡◌};
 ghost use Rattle.arrow_creation.specs.Outcome.{builder_shape};
 ghost use Rattle.arrow_model.specs.Kind.{is_frozen, is_values_alone, shape};

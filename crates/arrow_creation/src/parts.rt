@@ -1,4 +1,4 @@
-//! An array or a builder from raw parts.
+//! An array or a builder from raw parts, which are moved or borrowed; borrowed ones are tested before they are copied.
 ghost use Rattle.std.specs.Prelude.{[], ◌∷◌, IsTrue};
 ghost use Rattle.arrow_creation.specs.Outcome.{BuiltBy, MakesParts, PartsStep, PutsParts, built_answer, parts_fit};
 ghost use Rattle.arrow_entry.specs.Entry.{value_of};

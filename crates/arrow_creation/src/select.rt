@@ -1,4 +1,5 @@
-//! Commands that make a value of what another entry holds.
+//! Commands that make a value of what another entry holds. The table is only read; what is made is put into an empty
+//! entry.
 ghost use Rattle.std.specs.Prelude.{◌≡◌, None, Some, length, option_copied};
 ghost use Rattle.arrow_types.specs.Failures.{OnlyOutOfMemory};
 ghost use Rattle.arrow_creation.specs.Outcome.{IfMade, MadeBy};

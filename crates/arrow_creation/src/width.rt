@@ -1,4 +1,4 @@
-//! Commands that make an array over offsets of the other width.
+//! Commands that make an array over offsets of the other width, of an entry of the other table.
 
 use crate::make::MakesEntry;
 use arrow_entry::{Entry, entry_at};

@@ -1,4 +1,5 @@
-//! Lists of entries, each of which may be empty.
+//! Lists of entries, each of which may be empty. What entries drop is proved here alone: crates above drop by
+//! `discard`.
 ghost use Rattle.std.specs.Prelude.{◌≡◌, IfOk, None, option_copied, replicate};
 ghost use Rattle.arrow_entry.specs.Entry.{state_of, value_in};
 ghost use Rattle.arrow_model.specs.Step.{entry_at};

@@ -1,4 +1,4 @@
-//! Builders that become arrays.
+//! Builders that become arrays, for the command `Freeze`.
 ghost use Rattle.std.specs.Prelude.{◌≡◌, IfOk, IsTrue};
 ghost use Rattle.arrow_types.specs.Failures.{OnlyOutOfMemory};
 ghost use Rattle.arrow_bytes.specs.Column.{column_without_tail};

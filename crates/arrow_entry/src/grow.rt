@@ -1,4 +1,4 @@
-//! Slots that are appended to an entry.
+//! Slots that are appended to an entry, one by one, if the entry can take them.
 ghost use Rattle.std.specs.Prelude.{◌≡◌, IsTrue, OnOk, Some};
 ghost use Rattle.arrow_types.specs.Failures.{OutOfMemoryKeeps};
 ghost use Rattle.arrow_entry.specs.Entry.{Pushes, RefusedPushKeeps, value_of};

@@ -1,4 +1,4 @@
-//! What every kind of array and builder tells of its slots.
+//! What every kind of array and builder says of its slots, as its value does (`value_of`).
 ghost use Rattle.std.specs.Prelude.{◌≡◌, ◌<◌, IfErr, IfOk, IsTrue, Some, length, not, slice_get};
 ghost use Rattle.arrow_types.specs.Types.{logical_type};
 ghost use Rattle.arrow_column.specs.Column.{marks_of, slots_of, stored_values};

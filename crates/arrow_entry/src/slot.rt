@@ -1,4 +1,4 @@
-//! What a slot stores, borrowed.
+//! What a slot stores, borrowed, so that a slot is listed without a copy.
 ghost use Rattle.std.specs.Prelude.{◌≡◌, IfErr, IfOk, IsTrue};
 ghost use Rattle.arrow_entry.specs.Slot.{stored_ref};
 ghost use Rattle.arrow_model.specs.Item.{has_bytes, stored_item};

@@ -1,4 +1,4 @@
-//! Iterators over what slots store, asked from both ends.
+//! Iterators over what slots store, asked from both ends and with skips, for the command `Turns`.
 ghost use Rattle.std.specs.Prelude.{◌≡◌, IfOk, List, map, option_map, ⊤};
 ghost use Rattle.std.specs.Iterator.{YieldsFirstBy, YieldsLastBy};
 ghost use Rattle.arrow_column.specs.Column.{stored_values};

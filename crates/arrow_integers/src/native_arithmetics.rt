@@ -1,4 +1,5 @@
-//! Arithmetic on native integers.
+//! Arithmetic on native integers, through the numbers that they are, which contracts of kernels cite. It is implemented
+//! once, over `num_traits`.
 ghost use Rattle.std.specs.Prelude.{◌≡◌, ◌≢◌, ◌+ℤ◌, ◌-ℤ◌, ◌*ℤ◌, ◌≤ℤ◌, ◌^◌, ℕ, ℤ, Bool, true, pos, neg_ℤ, int_div};
 ghost use Rattle.std.specs.Prelude.{int_rem, FitsSigned};
 ghost use Rattle.std.specs.Int.{w128};

@@ -1,4 +1,5 @@
-//! The lines of a table of one width of offsets.
+//! The lines of a table of one width of offsets: the traits by which each line is its words and the command that they
+//! make.
 ghost use Rattle.std.specs.Prelude.{◌≡◌, ℤ, ℕ, IfOk, List, Option, is_some, map};
 ghost use Rattle.arrow_model.specs.Request.{Request, as_request};
 ghost use Rattle.arrow_interpreter.specs.Replies.{RunsLine, on_table};

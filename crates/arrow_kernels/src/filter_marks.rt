@@ -1,4 +1,5 @@
-//! The marks that a filter selects, as whole words.
+//! The marks that a filter selects, as whole words: the values of booleans, and the mask of any array, which is held
+//! exactly if a selected row is null.
 ghost use Rattle.std.specs.Prelude.{◌≡◌, ◌≤◌, length, option_map, IfOk, IfSome};
 ghost use Rattle.std.specs.Option.{option_copied};
 ghost use Rattle.arrow_types.specs.Failures.{OnlyOutOfMemory};

@@ -1,4 +1,4 @@
-//! The rows that a filter selects.
+//! The rows that a filter selects, as marks: found once, and walked over for values and for marks.
 ghost use Rattle.std.specs.Prelude.{◌≡◌, ◌+◌, ◌^◌, ◌<◌, ◌≤◌, not, count_by, length, IfOk};
 ghost use Rattle.arrow_types.specs.Failures.{OnlyOutOfMemory};
 ghost use Rattle.arrow_bytes.specs.Selection.{asked};

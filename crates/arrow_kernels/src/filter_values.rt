@@ -1,4 +1,5 @@
-//! The stored values and items that a filter selects.
+//! The stored values and items that a filter selects. Only speed depends on `LONG_RUN`, from which mean length on runs
+//! are copied whole.
 ghost use Rattle.std.specs.Prelude.{◌≡◌, ◌+◌, ◌≤◌, length, IfOk};
 ghost use Rattle.arrow_types.specs.Failures.{OnlyOutOfMemory};
 ghost use Rattle.arrow_bytes.specs.Pieces.{bare_items};

@@ -1,4 +1,4 @@
-//! The marks and masks of arrays, one array after the other.
+//! The marks and masks of arrays, one array after the other, for concatenations.
 ghost use Rattle.std.specs.Prelude.{◌≡◌, ◌++◌, ◌-◌, ◌^◌, Some, flat_map, length, min, not};
 ghost use Rattle.std.specs.Prelude.{IfOk, OnOk};
 ghost use Rattle.std.specs.List.{list_all};

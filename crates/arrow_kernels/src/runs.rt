@@ -1,4 +1,4 @@
-//! Runs of set bits of a word.
+//! Runs of set bits of a word, by which filters copy rows. Only speed depends on which runs are called long.
 ghost use Rattle.std.specs.Prelude.{◌≡◌, ℕ, ◌<◌, ◌≤◌};
 ghost use Rattle.std.specs.Int.{bit_at};
 

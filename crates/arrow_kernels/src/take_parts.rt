@@ -1,4 +1,4 @@
-//! The stored values, marks and items at keys.
+//! The stored values, marks and items at keys, for `take`, which has found them in bounds.
 ghost use Rattle.std.specs.Prelude.{◌≡◌, ◌<◌, ◌≤◌, length, option_map, Some, IfOk, IfErr};
 ghost use Rattle.std.specs.Prelude.{IfSome, IsSomeAnd, OnErr, OnOk};
 ghost use Rattle.std.specs.List.{concat};

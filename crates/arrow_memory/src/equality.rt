@@ -1,4 +1,4 @@
-//! Equality of buffers and of offsets.
+//! Equality of buffers and of offsets, which are compared as lists.
 ghost use Rattle.std.specs.Prelude.{◌≡◌, ◌↔◌, IsTrue};
 ghost use Rattle.std.specs.Cmp.Lexicographic.{pointwise};
 ghost use Rattle.arrow_memory.specs.Offsets.{KeepsOffsets, numbers_of};

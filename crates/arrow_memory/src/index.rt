@@ -1,4 +1,4 @@
-//! Values of a buffer by index, as `buffer[i]`.
+//! Values of a buffer by index, as `buffer[i]`. That the index is in bounds is a condition.
 ghost use Rattle.std.specs.Prelude.{◌<◌, length, slice_get, Some};
 
 use crate::buffer::Buffer;

@@ -1,4 +1,4 @@
-//! Buffers of native values from the bytes of a file.
+//! Buffers of native values from the bytes of a file, of which there must be a whole number of values.
 ghost use Rattle.std.specs.Prelude.{◌≡◌, ◌*◌, ◌%◌, length, map, IfErr, IfOk};
 ghost use Rattle.std.specs.Simd.{first_chunks};
 ghost use Rattle.arrow_types.specs.Types.{refusal};

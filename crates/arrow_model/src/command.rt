@@ -1,4 +1,4 @@
-//! What can be asked of a table.
+//! What can be asked of a table. CONTRIBUTING.md lists what else another command changes.
 use crate::item::{Change, Item, Turn};
 use crate::kind::Kind;
 use arrow_types::data_type::DataType;

@@ -1,4 +1,4 @@
-//! Names of the arrays and builders of each native type.
+//! Names of the arrays and builders of each native type, as arrow2 has them.
 use crate::{MutablePrimitiveArray, PrimitiveArray};
 use arrow_types::native_type::{days_ms, i256, months_days_ns};
 

@@ -1,4 +1,4 @@
-//! Arrays of native values as arrays of any kind.
+//! Arrays of native values as arrays of any kind, by the trait `Array`.
 use crate::PrimitiveArray;
 use arrow_column::Array;
 use arrow_memory::bitmap::Bitmap;

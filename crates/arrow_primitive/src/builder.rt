@@ -1,4 +1,4 @@
-//! Builders of arrays of native values.
+//! Builders of arrays of native values. Each call is one of its column, stated again for readers of this type.
 ghost use Rattle.std.specs.Prelude.{◌≡◌, ◌==◌, ◌<◌, ◌≤◌, length, not, count_by, slice_get, Some, None};
 ghost use Rattle.std.specs.Prelude.{OnOk, IfOk, IfErr, IsOk};
 ghost use Rattle.std.specs.Option.{option_copied};

@@ -1,4 +1,4 @@
-//! Replacement of values and masks, and thawing of arrays.
+//! Replacement of values and masks, and thawing of arrays, which copies nothing or leaves the array as it is.
 ghost use Rattle.std.specs.Prelude.{◌≡◌, List, Bool, length, IfSome, IsTrue};
 ghost use Rattle.std.specs.Bool.{OnFalse};
 ghost use Rattle.std.specs.Borrow.{MutBor};

@@ -1,4 +1,5 @@
-//! Growth of builders by many slots.
+//! Growth of builders by many slots. From an iterator those before a failure stay; from a slice, a builder or an array
+//! all come, or none.
 ghost use Rattle.std.specs.Prelude.{◌≡◌, replicate, IfSome, IfNone, OnOk, IfErr};
 ghost use Rattle.std.specs.Iterator.{IsFinite};
 ghost use Rattle.arrow_types.specs.Failures.{OutOfMemoryKeeps};

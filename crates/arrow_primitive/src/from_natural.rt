@@ -1,4 +1,4 @@
-//! Arrays and builders made of values or of slots.
+//! Arrays and builders made of values or of slots, in place of arrow2's `From`, since an allocation may fail.
 ghost use Rattle.std.specs.Prelude.{◌≡◌, None, IfOk};
 ghost use Rattle.std.specs.Iterator.{IsFinite};
 ghost use Rattle.arrow_types.specs.Failures.{OnlyOutOfMemory};

@@ -1,4 +1,4 @@
-//! Iterators over arrays and builders.
+//! Iterators over arrays and builders, and over a range of an array, which makes no array of its own.
 ghost use Rattle.std.specs.Prelude.{◌≡◌, take, drop};
 ghost use Rattle.std.specs.Slice.Iter.{iter_rest};
 ghost use Rattle.arrow_column.specs.Column.{FitsCut, slots_of, stored_values};

@@ -1,4 +1,4 @@
-//! Readers and writers that count their faults.
+//! Readers and writers that count their faults, by which the contract of `session` says that `Device` comes of one.
 ghost use Rattle.std.specs.Prelude.{◌≡◌, ◌≤◌, false, is_err};
 ghost use Rattle.std.specs.Io.{ReadsAtMost, WritesAtMost};
 ghost use Rattle.std.specs.Io.KnownBytes.{Keeps, ReadConsumes, WriteAppends};

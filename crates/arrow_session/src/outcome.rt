@@ -1,4 +1,4 @@
-//! How a session ends.
+//! How a session ends: the status and the text of each outcome, which the program prints.
 ghost use Rattle.std.specs.Prelude.{◌≡◌, Some};
 ghost use Rattle.arrow_session.specs.Session.{status_of, outcome_text};
 

@@ -1,4 +1,4 @@
-//! The words that are booleans, as a list and as packed bits.
+//! The words that are booleans, as a list and as packed bits, tested and read by the same definition.
 ghost use Rattle.std.specs.Prelude.{◌≡◌, ◌≤◌, Bool, List, Option, is_some, length, option_map, IfOk};
 ghost use Rattle.arrow_model.specs.Request.{Packed, packed_bits};
 ghost use Rattle.arrow_syntax.specs.Fields.{parse_bit, parse_bits, byte_of, parse_mask, packed_bytes, packed_of};

@@ -1,4 +1,5 @@
-//! The numbers that words write.
+//! The numbers that words write: decimal digits, behind a `-` if the number may be negative. One that does not fit is
+//! no number.
 ghost use Rattle.std.specs.Prelude.{◌≡◌, ◌^◌};
 ghost use Rattle.arrow_syntax.specs.Words.{parse_usize, with_digit, positive, negative, parse_i64, parse_i32};
 

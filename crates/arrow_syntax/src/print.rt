@@ -1,4 +1,4 @@
-//! The text of replies.
+//! The text of replies, appended to one text, which a session writes at its end.
 ghost use Rattle.std.specs.Prelude.{◌≡◌, ◌∷◌, ◌++◌, ◌<◌, if◌then◌else◌, ℕ, List, codes, decimal, map, flat_map};
 ghost use Rattle.std.specs.Prelude.{slice_index, OnOk};
 ghost use Rattle.std.specs.Fmt.{signed_decimal};

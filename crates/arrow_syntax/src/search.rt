@@ -1,4 +1,4 @@
-//! Searches for a byte that is likely to be near.
+//! Searches for a byte that is likely to be near, as the end of a line or of a word.
 ghost use Rattle.std.specs.Prelude.{◌≡◌, ◌==◌, ◌≤◌, IfSome, Some, length, position};
 
 use std::simd::prelude::*;

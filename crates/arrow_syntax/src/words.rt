@@ -1,4 +1,4 @@
-//! The words of a line.
+//! The words of a line, between spaces. Nothing is copied.
 ghost use Rattle.std.specs.Prelude.{◌≡◌, ◌==◌, ◌∷◌, [], ◌<◌, IfSome, MatchOption, bytes_eq, length, position};
 ghost use Rattle.arrow_syntax.specs.Words.{SplitsAt, words_of};
 

@@ -1,4 +1,4 @@
-//! Keys that are checked.
+//! The command `CheckIndexes`, which names no entry: keys that are checked.
 ghost use Rattle.std.specs.Prelude.{◌≡◌};
 ghost use Rattle.arrow_model.specs.Answer.{outcome};
 ghost use Rattle.arrow_model.specs.Step.{keys_answer};

@@ -1,4 +1,4 @@
-//! Whether two builders with nulls have the same slots.
+//! The command `Equal`: whether two builders with nulls have the same slots.
 ghost use Rattle.std.specs.Prelude.{◌↔◌, IsTrue, option_copied};
 ghost use Rattle.arrow_entry.specs.Entry.{EntriesStep, boolean_value, bytes_value, native_value, value_in};
 ghost use Rattle.arrow_model.specs.Answer.{answer_of};

@@ -1,4 +1,4 @@
-//! The rows of another builder, appended.
+//! The command `ExtendFromSelf`: the rows of another builder, appended.
 ghost use Rattle.std.specs.Prelude.{option_copied};
 ghost use Rattle.arrow_entry.specs.Entry.{EntriesStep};
 ghost use Rattle.arrow_model.specs.Answer.{outcome};

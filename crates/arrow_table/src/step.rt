@@ -1,4 +1,4 @@
-//! One command.
+//! One command: a `match` with an arm for each, which hands it to its code. Another command is another arm.
 ghost use Rattle.std.specs.Prelude.{[], ◌∷◌, ◌≡◌, IfNone, IfSome, false};
 ghost use Rattle.arrow_model.specs.Answer.{answer_of, outcome};
 ghost use Rattle.arrow_model.specs.Request.{as_request, parts_request};

@@ -1,4 +1,4 @@
-//! A table, and the run of a list of commands on it.
+//! A table, a command on it, and the run of a list of commands, whose contract is the headline of the project.
 ghost use Rattle.std.specs.Prelude.{[], ◌<◌, ◌∷◌, ◌≡◌, ◌≤◌, IfOk, IfSome, length, map, option_copied, option_map, take};
 ghost use Rattle.std.specs.Prelude.{vec_capacity, vec_len};
 ghost use Rattle.arrow_types.specs.Failures.{OnlyOutOfMemory};

@@ -1,4 +1,5 @@
-//! Data types: what the values of an array mean.
+//! Data types: what the values of an array mean. Contracts see one as its `logical_type`, in which no address of a text
+//! stands.
 use crate::physical_type::PhysicalType;
 use crate::primitive_type::PrimitiveType;
 use crate::units::{IntervalUnit, TimeUnit};

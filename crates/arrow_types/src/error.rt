@@ -1,4 +1,4 @@
-//! Errors of arrays and builders.
+//! Errors of arrays and builders. Their texts are part of contracts, so `Display` is written by hand.
 ghost use Rattle.std.specs.Prelude.{◌≡◌, Some};
 ghost use Rattle.arrow_types.specs.Types.{refusal, refusal_text};
 

@@ -1,4 +1,4 @@
-//! Integers that are used as indexes.
+//! Integers that are used as indexes: the keys of takes. Another type of keys is an `impl` here.
 ghost use Rattle.std.specs.Prelude.{◌≡◌, ℤ};
 ghost use Rattle.arrow_types.specs.IndexKey.{index_of};
 

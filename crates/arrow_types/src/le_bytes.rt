@@ -1,4 +1,4 @@
-//! Native values from their bytes.
+//! Native values from their bytes, the least significant first, for `Buffer::from_le_bytes`.
 ghost use Rattle.std.specs.Prelude.{◌≡◌, ◌<◌, ℕ, List, length};
 ghost use Rattle.std.specs.Int.{from_le_bytes, w128};
 

@@ -1,4 +1,4 @@
-//! Native types: the types of the values of primitive arrays.
+//! Native types: the types of the values of primitive arrays. CONTRIBUTING.md lists what else another one changes.
 ghost use Rattle.std.specs.Prelude.{◌≡◌};
 ghost use Rattle.std.specs.Bool.{Decides};
 

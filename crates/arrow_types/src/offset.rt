@@ -1,4 +1,5 @@
-//! Offset types: the integers of the variable-size layout.
+//! Offset types: the integers of the variable-size layout. The trait is open, since its ghost members and their law are
+//! all that offsets need; tests have a type that ends at 100.
 ghost use Rattle.std.specs.Prelude.{◌≡◌, ◌<◌, ◌≤◌, ◌^◌, ℕ, Bool, ℤ, pos, ◌+ℤ◌, ◌<ℤ◌, ◌≤ℤ◌, MatchOption};
 
 /// An integer that an offset is stored as (Arrow columnar format, "Variable-size Binary Layout").

@@ -1,4 +1,4 @@
-//! Physical types: how the values of an array lie in memory.
+//! Physical types: how the values of an array lie in memory. By this alone a data type is right for an array.
 use crate::primitive_type::PrimitiveType;
 
 /// A physical type: how the values of an array lie in memory.

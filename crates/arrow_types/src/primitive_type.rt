@@ -1,4 +1,4 @@
-//! Primitive types: the names of the native types.
+//! Primitive types: the names of the native types, each with the data type that its arrays have by default.
 use crate::data_type::DataType;
 use crate::units::IntervalUnit;
 

@@ -1,4 +1,4 @@
-//! Units of time and of intervals.
+//! Units of time and of intervals, as parts of data types. No call of an array depends on them.
 ghost use Rattle.std.specs.Prelude.{Some};
 ghost use Rattle.arrow_types.specs.TypeText.{interval_unit_text, time_unit_text};
 

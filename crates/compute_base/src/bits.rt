@@ -1,4 +1,4 @@
-//! The set bits of words.
+//! The set bits of words, for kernels that walk over marks 64 at a time.
 ghost use Rattle.std.specs.Prelude.{◌≡◌, ◌==◌, ◌<◌, ◌≤◌, ℕ};
 ghost use Rattle.std.specs.Int.{bit_at};
 

@@ -1,4 +1,5 @@
-//! Masks of results.
+//! Masks of results. That of two arrays is `both_masks`, and shared where one array alone holds a mask; one that is
+//! computed is held only if a mark is clear.
 ghost use Rattle.std.specs.Prelude.{◌≡◌, IfOk, Some};
 ghost use Rattle.std.specs.Option.{option_copied};
 ghost use Rattle.arrow_types.specs.Failures.{OnlyOutOfMemory};

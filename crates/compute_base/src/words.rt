@@ -1,4 +1,5 @@
-//! Bitmaps that are made 64 marks at a time.
+//! Bitmaps that are made 64 or 512 marks at a time. A kernel says by `MarkSource`, `MarkWords` or `MarkBlocks` what its
+//! marks are, and `collect_marks` and `collect_blocks` write them as whole words.
 ghost use Rattle.std.specs.Prelude.{◌≡◌, ◌==◌, ◌+◌, ◌*◌, ◌^◌, ◌<◌, ◌≤◌, ℕ, IfOk, List, Bool, Some, length, slice_get};
 ghost use Rattle.std.specs.Int.{bit_at, div_ceil};
 ghost use Rattle.arrow_memory.specs.Marks.{mark_at};

@@ -1,4 +1,5 @@
-//! Conversions of text and bytes to integers.
+//! Conversions of text and bytes to integers, by the rules of Rust's `parse`: a slot that is no number of the type
+//! becomes null.
 ghost use Rattle.std.specs.Prelude.{◌≡◌, ◌<◌, ℕ, IfOk, List, Option, Some, length, slice_get};
 ghost use Rattle.arrow_types.specs.Failures.{OnlyOutOfMemory};
 ghost use Rattle.arrow_types.specs.Types.{IsRightType, logical_type};

@@ -1,4 +1,5 @@
-//! Decimal texts of numbers.
+//! Decimal texts of numbers, which are appended to the bytes of an array, and their lengths, of which overflows are
+//! found.
 ghost use Rattle.std.specs.Prelude.{◌≡◌, ◌+◌, ◌<◌, ◌++◌, OnOk, drop, length, pos};
 ghost use Rattle.std.specs.Fmt.{signed_decimal};
 ghost use Rattle.std.specs.Str.{IsAscii};

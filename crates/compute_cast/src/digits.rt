@@ -1,4 +1,4 @@
-//! Values of decimal digits.
+//! Values of decimal digits. Up to 19 digits fit in 64 bits, so only longer texts test each step.
 ghost use Rattle.std.specs.Prelude.{◌≡◌, ◌≤◌, length};
 ghost use Rattle.std.specs.Str.{all_ascii_digits};
 ghost use Rattle.std.specs.Str.Parse.{digits_value};

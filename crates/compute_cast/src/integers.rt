@@ -1,4 +1,4 @@
-//! Conversions between types of integers.
+//! Conversions between types of integers: wrapped, as by Rust's `as`, or null where a number does not fit.
 ghost use Rattle.std.specs.Prelude.{◌≡◌, IfOk, map, option_map};
 ghost use Rattle.arrow_types.specs.Failures.{OnlyOutOfMemory};
 ghost use Rattle.arrow_types.specs.Types.{IsRightType, logical_type};

@@ -1,4 +1,4 @@
-//! Decimal texts read as numbers.
+//! Decimal texts read as numbers, as Rust's `parse` of the type reads them.
 ghost use Rattle.std.specs.Prelude.{◌≡◌, ◌&&◌, pos};
 ghost use Rattle.std.specs.Int.{w128};
 ghost use Rattle.std.specs.Str.Parse.{starts_with_minus};

@@ -1,4 +1,4 @@
-//! How values are converted.
+//! How values are converted: whether numbers that do not fit wrap or become null, as they do by default.
 ghost use Rattle.std.specs.Prelude.{◌≡◌};
 
 /// How numbers that do not fit in the new type are converted. The default is that of arrow2: they become null.

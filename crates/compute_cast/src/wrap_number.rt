@@ -1,4 +1,4 @@
-//! Numbers that wrap to values.
+//! Numbers that wrap to values, which is Rust's `as`. Another type of integers is an `impl` here.
 ghost use Rattle.std.specs.Prelude.{◌≡◌};
 
 use arrow_integers::NativeArithmetics;

@@ -1,4 +1,5 @@
-//! Three-valued logic, in which a null is an unknown boolean.
+//! Three-valued logic, in which a null is an unknown boolean: a result is null exactly if the known slots leave it
+//! open.
 ghost use Rattle.std.specs.Prelude.{◌≡◌, ◌==◌, ◌+◌, ◌<◌, ◌≤◌, ℕ, Bool, IfOk, Option, Some, is_some, length};
 ghost use Rattle.std.specs.Prelude.{None, slice_get};
 ghost use Rattle.std.specs.Int.{bit_at};

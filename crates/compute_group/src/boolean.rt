@@ -1,4 +1,4 @@
-//! Groups of equal booleans.
+//! Groups of equal booleans, by public keys and by the caller's hash function.
 ghost use Rattle.std.specs.Prelude.{◌≡◌, IfOk};
 ghost use Rattle.arrow_column.specs.Column.{slots_of};
 ghost use Rattle.arrow_types.specs.Failures.{OnlyOutOfMemory};

@@ -1,4 +1,5 @@
-//! Groups of slots: what a grouping returns.
+//! Groups of slots: what a grouping returns. Its invariant, that each number is that of a group, names no array, so
+//! that aggregates of any array of as many slots rest on it.
 ghost use Rattle.std.specs.Prelude.{◌≡◌, ◌==◌, ◌<◌, ◌++◌, ◌∷◌, [], All, IfOk, OnOk, if◌then◌else◌, length};
 ghost use Rattle.arrow_types.specs.Failures.{OnlyOutOfMemory};
 ghost use Rattle.compute_group.specs.GroupEquality.{same_groups};

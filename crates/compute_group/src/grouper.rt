@@ -1,4 +1,4 @@
-//! Groups of slots of any type.
+//! Groups of slots of any type: the one loop of all groupings, over [`crate::keys`].
 ghost use Rattle.std.specs.Prelude.{◌≡◌, ◌<◌, ◌^◌, IfOk, OnOk, length};
 ghost use Rattle.indexmap.specs.IndexSet.{insert_key};
 ghost use Rattle.compute_group.specs.Grouping.{AddsHint, ArePlaces, IsGrouping, NumbersKey};

@@ -1,4 +1,4 @@
-//! Hashes of slots.
+//! Hashes of slots, by a hash function with fixed, public keys, so that equal slots have equal hashes in every run.
 ghost use Rattle.std.specs.Prelude.{◌≡◌, IfOk, None, map};
 ghost use Rattle.arrow_column.specs.Column.{slots_of};
 ghost use Rattle.arrow_memory.specs.Rows.{slot};

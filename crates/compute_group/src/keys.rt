@@ -1,4 +1,4 @@
-//! Slots as keys, which can be compared and hashed.
+//! Slots as keys, which can be compared and hashed: what a grouping is written over.
 ghost use Rattle.std.specs.Prelude.{◌≡◌, ◌<◌, List, Option, Some, length, slice_get};
 ghost use Rattle.std.specs.Bool.{Decides};
 ghost use Rattle.arrow_column.specs.Column.{slots_of};

@@ -1,4 +1,4 @@
-//! Groups of rows of several columns.
+//! Groups of rows of several columns: those of pairs of numbers of groups, a column at a time.
 ghost use Rattle.std.specs.Prelude.{◌≡◌, IfOk, length};
 ghost use Rattle.arrow_types.specs.Failures.{OnlyOutOfMemory};
 ghost use Rattle.compute_group.specs.Grouping.{GroupsPairs};

@@ -1,4 +1,4 @@
-//! Items that kernels select.
+//! Items that kernels select, whose lengths are added before room for them is reserved.
 ghost use Rattle.std.specs.Prelude.{⊤, ◌≡◌, ◌<◌, ◌≤◌, Some, length, slice_get, IfErr, IfOk, OnOk};
 ghost use Rattle.std.specs.List.{concat};
 ghost use Rattle.arrow_types.specs.Failures.{OnlyOutOfMemory};

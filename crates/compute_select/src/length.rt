@@ -1,4 +1,4 @@
-//! The lengths of bytes and text.
+//! The lengths of bytes and text, in bytes, as integers of the offsets' width.
 ghost use Rattle.std.specs.Prelude.{◌≡◌, ◌+◌, ◌<◌, ◌≤◌, length as length_of, map, pos, slice_index, IfOk};
 ghost use Rattle.arrow_types.specs.Failures.{OnlyOutOfMemory};
 ghost use Rattle.arrow_types.specs.Types.{default_logical_type};

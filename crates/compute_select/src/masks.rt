@@ -1,4 +1,4 @@
-//! Masks of what kernels select.
+//! Masks of what kernels select, made 64 marks at a time.
 ghost use Rattle.std.specs.Prelude.{◌≡◌, ◌==◌, ◌&&◌, ◌<◌, ℕ, not, if◌then◌else◌, Some, IfOk};
 ghost use Rattle.std.specs.Int.{bit_at};
 ghost use Rattle.arrow_types.specs.Failures.{OnlyOutOfMemory};

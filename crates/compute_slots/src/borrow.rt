@@ -1,4 +1,5 @@
-//! Arrays whose stored values can be borrowed.
+//! Arrays whose stored values can be borrowed: sorts, groups, hashes and aggregates are written once over
+//! `BorrowSlots`. The trait is sealed, so that another kind of array is an `impl` here.
 ghost use Rattle.std.specs.Prelude.{◌≡◌, ◌<◌, Some, length, option_map, slice_get};
 ghost use Rattle.arrow_column.specs.Column.{slots_of, stored_values};
 

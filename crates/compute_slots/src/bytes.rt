@@ -1,4 +1,4 @@
-//! The order of byte strings.
+//! The order of byte strings, which is that of slices. Only speed is gained by looking at four bytes first.
 ghost use Rattle.std.specs.Prelude.{◌≡◌, ◌≤◌, length};
 ghost use Rattle.std.specs.Cmp.Lexicographic.{slice_cmp};
 ghost use Rattle.std.specs.Ordering.{nat_cmp};

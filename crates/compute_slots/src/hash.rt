@@ -1,4 +1,5 @@
-//! Arrays whose values can be tested for equality and hashed.
+//! Arrays whose values can be tested for equality and hashed, as keys of a grouping. Bytes and text of the same bytes
+//! have the same hash.
 ghost use Rattle.std.specs.Prelude.{◌≡◌, ℕ, List, nat_eq};
 ghost use Rattle.std.proofs.Common.{ap};
 ghost use Rattle.std.specs.Bool.{Decides};

@@ -1,4 +1,5 @@
-//! Arrays whose values have an order.
+//! Arrays whose values have a total order, on which sorts and least and greatest values rest. `i256` and intervals have
+//! none.
 ghost use Rattle.std.specs.Prelude.{◌≡◌};
 ghost use Rattle.std.specs.Cmp.{IsTotalOrder};
 ghost use Rattle.std.specs.Cmp.Lexicographic.{slice_cmp};

@@ -1,4 +1,4 @@
-//! Arrays whose values can be read without the array.
+//! Arrays whose values can be read without the array, so that a loop keeps in registers where they lie.
 ghost use Rattle.std.specs.Prelude.{◌≡◌, ◌<◌, List, Some, length, slice_get};
 ghost use Rattle.arrow_column.specs.Column.{stored_values};
 

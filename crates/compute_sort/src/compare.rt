@@ -1,4 +1,4 @@
-//! Comparisons of values and of the slots at two indexes.
+//! Comparisons of values and of the slots at two indexes, with nulls first or last as the options say.
 ghost use Rattle.std.specs.Prelude.{◌≡◌, if◌then◌else◌, option_map};
 ghost use Rattle.arrow_column.specs.Column.{slots_of};
 ghost use Rattle.compute_sort.specs.Columns.{order_at};

@@ -1,4 +1,4 @@
-//! Selection of the first rows in order, without a sort of all.
+//! Selection of the first rows in order, without a sort of all, for a limit that is small beside the number of rows.
 ghost use Rattle.std.specs.Prelude.{◌<◌, IfOk, IsTrue, OnOk, Some};
 ghost use Rattle.std.specs.Cmp.{IsTotalOrder};
 ghost use Rattle.compute_sort.specs.Columns.{then_index};

@@ -1,4 +1,4 @@
-//! Sorts over several columns.
+//! Sorts over several columns: by each column, the last first, in the memory of a sort of one; or a selection.
 ghost use Rattle.std.specs.Prelude.{◌≡◌, ◌<◌, IfOk, Some, length};
 ghost use Rattle.arrow_types.specs.Failures.{OnlyOutOfMemory};
 ghost use Rattle.compute_sort.specs.Columns.{AreColumns, AreSortedColumns, AreSortedRows, columns_at, rows_count};

@@ -1,4 +1,4 @@
-//! Ranges of equal rows.
+//! Ranges of equal rows: each row that differs from the one before it begins a range. Columns need not be sorted.
 ghost use Rattle.std.specs.Prelude.{◌≡◌, ◌++◌, [], IfOk, OnOk, if◌then◌else◌};
 ghost use Rattle.arrow_types.specs.Failures.{OnlyOutOfMemory};
 ghost use Rattle.compute_sort.specs.Columns.{AreColumns};

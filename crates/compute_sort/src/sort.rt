@@ -1,4 +1,5 @@
-//! Sorts of one array.
+//! Sorts of one array: the one list of all indexes in the order of the slots, equal slots in the order of their
+//! indexes.
 ghost use Rattle.std.specs.Prelude.{IfOk};
 ghost use Rattle.arrow_types.specs.Failures.{OnlyOutOfMemory};
 ghost use Rattle.arrow_column.specs.Column.{slots_of};

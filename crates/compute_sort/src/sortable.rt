@@ -1,4 +1,4 @@
-//! Arrays that a sort can return.
+//! Arrays that a sort can return. Another kind of array is an `impl` here.
 ghost use Rattle.std.specs.Prelude.{◌≡◌, IfOk, List, ℕ, length, pos};
 ghost use Rattle.std.specs.declared.cmp.Ordering.{Ordering};
 ghost use Rattle.arrow_types.specs.Failures.{OnlyOutOfMemory};

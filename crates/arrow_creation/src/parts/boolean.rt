@@ -1,4 +1,4 @@
-//! Boolean arrays and builders from raw parts.
+//! Boolean arrays and builders from raw parts, in the order of tests that the arrays have.
 ghost use Rattle.std.specs.Prelude.{IsTrue};
 ghost use Rattle.arrow_creation.specs.Outcome.{BooleanFromParts, BuiltBy, FromParts};
 ghost use Rattle.arrow_entry.specs.Entry.{value_of};

@@ -1,4 +1,5 @@
-//! Arrays and builders of bytes and text from raw parts.
+//! Arrays and builders of bytes and text from raw parts, in the order of tests that the arrays have. A text is tested
+//! once.
 ghost use Rattle.std.specs.Prelude.{IsTrue, None, false, true};
 ghost use Rattle.arrow_creation.specs.Outcome.{BuiltBy, BytesCost, BytesCostAtMost, BytesFromParts, FromPieces};
 ghost use Rattle.arrow_creation.specs.Outcome.{IsKindOf, PiecesCost, PiecesCostAtMost, built_answer, pieces_fit};

@@ -1,4 +1,4 @@
-//! Arrays and builders of native values from raw parts.
+//! Arrays and builders of native values from raw parts, in the order of tests that the arrays have.
 ghost use Rattle.std.specs.Prelude.{IsTrue};
 ghost use Rattle.arrow_creation.specs.Outcome.{BuiltBy, FromParts, NativeFromParts};
 ghost use Rattle.arrow_entry.specs.Entry.{value_of};

@@ -1,4 +1,4 @@
-//! Bitmaps, masks and offsets from raw vectors.
+//! Bitmaps, masks and offsets from raw vectors, each refused as the library refuses it.
 ghost use Rattle.std.specs.Prelude.{◌≡◌, IfErr, IfOk, IfSome, None, Some, map, option_map};
 ghost use Rattle.arrow_creation.specs.Outcome.{RejectedBits, RejectedOffsets, RejectedParts};
 ghost use Rattle.arrow_memory.specs.Offsets.{first_fault, numbers_of};

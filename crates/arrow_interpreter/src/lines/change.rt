@@ -1,4 +1,4 @@
-//! The lines that cut, copy and change a value.
+//! The lines that cut, copy and change a value. Each is a type; another needs its name in [`crate::run`] too.
 ghost use Rattle.arrow_syntax.specs.Lines.{apply_mask_line, apply_values_line, clone_line, drop_line, mask_line};
 ghost use Rattle.arrow_syntax.specs.Lines.{set_line, slice_line, values_line, write_line};
 ghost use Rattle.std.proofs.Common.{rules};

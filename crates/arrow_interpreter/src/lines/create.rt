@@ -1,4 +1,4 @@
-//! The lines that make a value in an empty entry.
+//! The lines that make a value in an empty entry. Each is a type; another needs its name in [`crate::run`] too.
 ghost use Rattle.arrow_syntax.specs.Lines.{items_line, new_line, null_line, parts_line, slots_line, types_over};
 ghost use Rattle.std.specs.Prelude.{◌≡◌, is_some};
 ghost use Rattle.arrow_types.specs.Types.{logical_type};

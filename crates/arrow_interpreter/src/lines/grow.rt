@@ -1,4 +1,4 @@
-//! The lines that make a builder grow or shrink.
+//! The lines that make a builder grow or shrink. Each is a type; another needs its name in [`crate::run`] too.
 ghost use Rattle.arrow_syntax.specs.Lines.{constant_line, extend_line, extend_values_line, pop_line, push_line};
 ghost use Rattle.arrow_syntax.specs.Lines.{push_null_line, reserve_line, self_line, shrink_line};
 ghost use Rattle.std.proofs.Common.{rules};

@@ -1,4 +1,4 @@
-//! The lines that read a value.
+//! The lines that read a value. Each is a type; another needs its name in [`crate::run`] too.
 ghost use Rattle.arrow_syntax.specs.Lines.{bytes_line, get_line, held_line, is_null_line, len_line, list_line};
 ghost use Rattle.arrow_syntax.specs.Lines.{nulls_line, offsets_line, turns_line, type_line, value_line};
 ghost use Rattle.std.proofs.Common.{rules};

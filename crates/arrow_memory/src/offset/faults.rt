@@ -1,4 +1,4 @@
-//! The rules that offsets from outside may break.
+//! The rules that offsets from outside may break, in the order in which they are tested: an error is that of the first.
 ghost use Rattle.std.specs.Prelude.{◌≡◌, ◌≤◌, pos, map, Some, None, int_lt, false};
 ghost use Rattle.std.specs.Option.{option_map};
 ghost use Rattle.arrow_memory.specs.Offsets.{first_fault, last_of, numbers_of};

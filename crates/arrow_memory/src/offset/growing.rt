@@ -1,4 +1,5 @@
-//! Offsets that grow.
+//! Offsets that grow. That they never fall is their invariant; a growth past the greatest offset is found before memory
+//! is allocated.
 ghost use Rattle.std.specs.Prelude.{◌≡◌, ◌+◌, ◌<◌, ◌≤◌, pos, [], ◌∷◌, ◌++◌, length, map, take, replicate, OnErr};
 ghost use Rattle.std.specs.Prelude.{slice_index, ◌==◌, None, OnOk, IfOk, IfErr, MatchOption, IsOk};
 ghost use Rattle.arrow_types.specs.Failures.{OnlyOutOfMemory, OutOfMemoryKeeps};

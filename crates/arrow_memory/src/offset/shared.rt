@@ -1,4 +1,4 @@
-//! Immutable offsets, whose clones and slices share memory.
+//! Immutable offsets, whose clones and slices share memory. That they never fall is their invariant.
 ghost use Rattle.std.specs.Prelude.{◌≡◌, ◌+◌, ◌<◌, ◌≤◌, pos, [], ◌∷◌, length, map, take, drop, slice_index, IfOk};
 ghost use Rattle.std.specs.Prelude.{◌==◌, IfErr, MatchOption, None};
 ghost use Rattle.either.specs.Either.{MatchEither};

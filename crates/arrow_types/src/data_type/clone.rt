@@ -1,4 +1,4 @@
-//! Copies of data types, which allocate memory for their text.
+//! Copies of data types, which allocate memory for their text and so return a `Result`.
 ghost use Rattle.std.specs.Prelude.{◌≡◌, IfOk};
 ghost use Rattle.arrow_types.specs.Types.{logical_type};
 

@@ -1,4 +1,4 @@
-//! The text of data types: Arrow's names with their parts.
+//! The text of data types: Arrow's names with their parts, the same by `{}`, by `{:?}` and under every option.
 ghost use Rattle.std.specs.Prelude.{Some};
 ghost use Rattle.arrow_types.specs.TypeText.{type_text};
 ghost use Rattle.arrow_types.specs.Types.{logical_type};

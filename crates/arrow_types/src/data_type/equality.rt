@@ -1,4 +1,4 @@
-//! Equality of data types.
+//! Equality of data types, which holds exactly for the same logical type.
 ghost use Rattle.std.specs.Prelude.{◌≡◌, IsTrue, ◌↔◌};
 ghost use Rattle.arrow_types.specs.Types.{logical_type};
 

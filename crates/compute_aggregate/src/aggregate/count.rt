@@ -1,4 +1,4 @@
-//! The number of valid slots.
+//! The number of valid slots of any array, which the array knows.
 ghost use Rattle.std.specs.Prelude.{◌≡◌, length};
 ghost use Rattle.compute_aggregate.specs.Aggregates.{valid_values};
 

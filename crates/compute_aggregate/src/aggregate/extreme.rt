@@ -1,4 +1,4 @@
-//! The least or the greatest of the values of valid slots.
+//! The least or the greatest of the values of valid slots, for arrays whose values have an order.
 ghost use Rattle.std.specs.Prelude.{◌≡◌, ◌==◌, ◌+◌, ◌<◌, ◌≤◌, ◌^◌, ℕ, Some, true, length, option_map, slice_get};
 ghost use Rattle.std.specs.Int.{bit_at};
 ghost use Rattle.arrow_column.specs.Column.{marks_of};

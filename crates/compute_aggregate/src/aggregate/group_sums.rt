@@ -1,4 +1,4 @@
-//! Sums of groups of slots.
+//! Sums of groups of slots, each an error exactly if it does not fit, whatever its sums on the way are.
 ghost use Rattle.std.specs.Prelude.{◌≡◌, ◌+ℤ◌, ◌+◌, ◌||◌, ◌<◌, ◌≤◌, ◌^◌, ℕ, All, IfErr, IfOk, None, Some, false};
 ghost use Rattle.std.specs.Prelude.{if◌then◌else◌, length, option_map, pos, slice_get, unsigned_abs};
 ghost use Rattle.std.specs.Int.{w128};

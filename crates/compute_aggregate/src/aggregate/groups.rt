@@ -1,4 +1,4 @@
-//! Aggregates by group.
+//! Aggregates by group: counts, and least and greatest values, which are null if no slot of the group is valid.
 ghost use Rattle.std.specs.Prelude.{◌≡◌, ◌<◌, ◌^◌, ℕ, All, IfOk, None, Some, length, option_map, slice_get};
 ghost use Rattle.std.specs.Ordering.{bool_cmp};
 ghost use Rattle.arrow_types.specs.Failures.{OnlyOutOfMemory};

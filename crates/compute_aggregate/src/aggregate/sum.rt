@@ -1,4 +1,5 @@
-//! Sums of arrays of integers.
+//! Sums of arrays of integers. A sum is exact: numbers are added in 64 bits, in halves or in 128 bits, and whether the
+//! sum fits is asked at the end.
 ghost use Rattle.std.specs.Prelude.{◌≡◌, ◌&&◌, ◌<◌, ◌≤◌, ◌^◌, IfErr, IfOk, IfSome, Some};
 ghost use Rattle.std.specs.Prelude.{if◌then◌else◌, length, map, nat_le, option_map, pos, slice_get, unsigned_abs};
 ghost use Rattle.std.specs.Int.{w128};

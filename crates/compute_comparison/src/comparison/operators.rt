@@ -1,4 +1,4 @@
-//! The six comparisons of two values.
+//! The six comparisons of two values, as types, over which comparisons of arrays are written once.
 ghost use Rattle.std.specs.Prelude.{◌≡◌, ◌<◌, ◌==◌, ℕ, Bool};
 ghost use Rattle.std.specs.Int.{bit_at};
 ghost use Rattle.std.specs.Ordering.{bool_cmp};
