@@ -1,5 +1,5 @@
-//! Columns whose stored values can be borrowed for writing. It is a trait, since only a trait's clause can say what is
-//! written through a slice that is lent.
+//! Columns whose stored values can be borrowed mutably. It is a trait, since only a trait's clause can say what is
+//! written through a borrowed slice.
 ghost use Rattle.std.specs.Prelude.{◌≡◌, List};
 ghost use Rattle.std.specs.Borrow.{Array, Lends, sem};
 

@@ -86,8 +86,9 @@ GroupStates step start column indices groups states = StatesOf step start (zip i
 abbrev pub extreme_step : {S : Type 0} → Extreme → (S → S → Ordering) → Option S → S → Option S
 extreme_step extreme cmp best value = extreme_slot extreme cmp best (Some value)
 
--- what is seen of a value is the extreme so far after a slot more, which is given by its value and its mark
-abbrev pub KeepsExtreme : {S V : Type 0} → Extreme → (S → S → Ordering) → (V → S) → Option V → V × Bool → Option V → Type 0
+-- what is seen of a value is the extreme so far and of one more slot, which is given by its value and its mark
+abbrev pub KeepsExtreme : {S V : Type 0} → Extreme → (S → S → Ordering) → (V → S) → Option V → V × Bool → Option V
+    → Type 0
 KeepsExtreme extreme cmp seen best row kept =
     option_map seen kept ≡ fold_slot (extreme_step extreme cmp) (option_map seen best) (slot (seen row.0, row.1))
 

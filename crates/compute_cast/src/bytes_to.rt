@@ -1,5 +1,4 @@
-//! Conversions of text and bytes to integers, by the rules of Rust's `parse`: a slot that is no number of the type
-//! becomes null.
+//! Conversions of text and bytes to integers, by the rules of Rust's `parse`: a slot that does not parse becomes null.
 ghost use Rattle.std.specs.Prelude.{◌≡◌, ◌<◌, ℕ, IfOk, List, Option, Some, length, slice_get};
 ghost use Rattle.arrow_types.specs.Failures.{OnlyOutOfMemory};
 ghost use Rattle.arrow_types.specs.Types.{IsRightType, logical_type};

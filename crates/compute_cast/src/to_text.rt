@@ -1,5 +1,5 @@
 //! Conversions of integers and of booleans to text and to bytes. Where one fails, the bytes of all texts are counted,
-//! so that an overflow is told from a lack of memory.
+//! to tell an overflow from running out of memory.
 ghost use Rattle.std.specs.Prelude.{◌≡◌, ◌++◌, ◌<◌, false, IfErr, IfOk, OnOk, Some, length, option_map, slice_get};
 ghost use Rattle.std.specs.Fmt.{signed_decimal};
 ghost use Rattle.std.specs.Option.{option_map_or};

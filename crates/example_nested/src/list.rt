@@ -1,5 +1,5 @@
 //! List arrays: each slot is a list of slots of an inner array (Arrow columnar format, "Variable-size List Layout").
-//! Parts are tested in arrow2's order, and a list is lent as two offsets, without a copy.
+//! Parts are checked in arrow2's order, and a list is returned as its two offsets, without a copy.
 ghost use Rattle.std.specs.Prelude.{◌≡◌, ◌==◌, ◌+◌, ◌<◌, ◌≤◌, Some, not, count_by, drop, length, map, slice_get};
 ghost use Rattle.std.specs.Prelude.{take};
 ghost use Rattle.dethrugn.specs.Validation.{AcceptedBy, RefusedBy};

@@ -39,13 +39,14 @@ loop-k-preserved g c = λ k low.
     let own = slot-at column.rows row value mark
     (ap (λ xs. slice_get xs row) (sym c.stored_values-values.ensures) ∙ c.stored_value-value.ensures)
     (c.marks_word-word.ensures c.loop-k.k c.loop-k-test.true ∙ ap Some (sym c.is_set.ensures)) in
-    let state = slice_get_read c.loop-k.best (length c.loop-k.best) index current refl (omega (arith, within, c.loop-k.auto.best))
-    c.index-best-group.is in
+    let state = slice_get_read c.loop-k.best (length c.loop-k.best) index current refl
+    (omega (arith, within, c.loop-k.auto.best)) c.index-best-group.is in
     let seen_state = slice_get-map (option_map seen) c.loop-k.best index ∙ ap (option_map (option_map seen)) state in
     ap (λ states. slice_get states k) (map-set (option_map seen) c.loop-k.best index c.kept_value.result)
     ∙ row_more (extreme_step c.args.extreme g.A.OrderSlots.order) (as_seen seen c.loop-k.best)
     (zip c.args.indices.now (slots_of column)) row index k (slot (value, mark)) (option_map seen current)
-    (option_map seen c.kept_value.result) None (get-zip c.args.indices.now (slots_of column) row index (slot (value, mark)) at own)
+    (option_map seen c.kept_value.result) None
+    (get-zip c.args.indices.now (slots_of column) row index (slot (value, mark)) at own)
     seen_state c.kept_value.ensures (c.loop-k.invariant k low)
     ∙ ap (λ n. Some (fold (extreme_step c.args.extreme g.A.OrderSlots.order) None
     (values_at (take n (zip c.args.indices.now (slots_of column))) k))) one_more
@@ -67,4 +68,5 @@ returns g c = λ k low.
     let all : take (64 * c.loop-i.i) pairs ≡ pairs = take_all (64 * c.loop-i.i) pairs
     (omega (arith, length-zip c.args.indices.now (slots_of column), length-map column.rows slot)) in
     subst (λ ps. slice_get (as_seen g.A.BorrowSlots.seen c.loop-i.best) k
-    ≡ Some (fold (extreme_step c.args.extreme g.A.OrderSlots.order) None (values_at ps k))) all (c.loop-i.invariant k low)
+    ≡ Some (fold (extreme_step c.args.extreme g.A.OrderSlots.order) None (values_at ps k))) all
+    (c.loop-i.invariant k low)
